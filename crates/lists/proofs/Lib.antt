@@ -1,0 +1,3 @@
+pub mod Gaps
+pub mod Raws
+pub mod Places

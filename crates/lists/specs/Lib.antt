@@ -1,0 +1,3 @@
+pub mod Refusals
+pub mod Dense
+pub mod Positions
