@@ -2,7 +2,7 @@
 use mathlib.Core.Path.{_≡_, sym, ap, ap₂, _∙_}
 use mathlib.Core.Bool.{_&&_}
 use mathlib.Core.Logic.{inl, inr}
-use Prim.Native.Nat.{ℕ, _+_, _*_, _/_, _%_, _≤_, _<_}
+use Prim.Native.Nat.{ℕ, _+_, _*_, _≤_, _<_}
 use native.Mathlib.Omega.{arith}
 use lib.Dec.{leb, ltb}
 use Rattle.std.specs.declared.result.Result.the-variants.{Ok, Err}
@@ -10,7 +10,7 @@ use Rattle.std.proofs.shelf.Bits.{div-mul-add, mod-mul-add, div-add-mod'}
 use Rattle.std.proofs.shelf.Tests.{cond-true, cond-false, and-from, and-parts, cases-bool, le-leb, lt-ltb, ltb-true}
 use Rattle.lists.specs.declared.refusal.Refusal.the-variants.{NoSuchPlace}
 use Rattle.lists.specs.declared.solver_contact_graph.GraphPos.{GraphPos}
-use Rattle.lists.specs.Positions.{position, Sole}
+use Rattle.lists.specs.Positions.{bucket-of, local-of, position, Sole}
 
 abbrev packed : ℕ → ℕ → GraphPos
 packed b l = record { word = b * 4194304 + l }
@@ -42,6 +42,7 @@ sole b l h k =
       local-again = m;
       position-again = ap₂ position d m ∙ position-made b l h k;
       sole = λ b′ l′ e. let t = position-of b′ l′ p e in (omega (arith, t .0, t .1), omega (arith, t .0, t .1));
+      equal = λ q e. (ap bucket-of e ∙ d, ap local-of e ∙ m);
       alone = λ q x y. ap (λ n. record { word = n }) (sym (div-add-mod' (q .word) 4194304) ∙ ap₂ (λ n r. n * 4194304 + r) x y);
       some = λ e. omega arith;
     }

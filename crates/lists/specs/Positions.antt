@@ -29,8 +29,10 @@ pub record Sole (bucket local : ℕ) (p : GraphPos) : Type 0 where
   pub bucket-again : bucket-of p ≡ bucket
   pub local-again : local-of p ≡ local
   pub position-again : position (bucket-of p) (local-of p) ≡ Ok p
-  -- no other bucket and place make it, and no other position has them
+  -- no other bucket and place make it
   pub sole : (b l : ℕ) → position b l ≡ Ok p → (b ≡ bucket) × (l ≡ local)
+  -- a position is equal to it exactly if bucket and place are
+  pub equal : (q : GraphPos) → q ≡ p → (bucket-of q ≡ bucket) × (local-of q ≡ local)
   pub alone : (q : GraphPos) → bucket-of q ≡ bucket → local-of q ≡ local → q ≡ p
   -- it is not the missing one
   pub some : p .word ≡ none → ⊥

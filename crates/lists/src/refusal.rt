@@ -1,7 +1,7 @@
 ghost use mathlib.Core.Path.{_≡_};
 ghost use Rattle.lists.specs.Refusals.{number-of};
 
-// Why a call was refused: one case for each question that a call can fail.
+// Why a call was refused: one case for each condition that a call checks.
 #[derive(Clone, Copy, PartialEq, Eq, Debug)]
 pub enum Refusal {
     // The place is not in the list, or the bucket and the place make no position.

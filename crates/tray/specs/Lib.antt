@@ -1,1 +1,3 @@
 pub mod Colours
+pub mod Buckets
+pub mod Moves

@@ -1,32 +1,50 @@
+ghost use denote.Ref.{now};
+ghost use mathlib.Core.Path.{_≡_};
+ghost use mathlib.Core.Bool.{cond};
+ghost use mathlib.Core.List.{[]};
+ghost use Prim.Native.Nat.{ℕ};
+ghost use lib.Dec.{leb};
+ghost use Rattle.std.specs.shelf.Maps.{nth};
+ghost use Rattle.std.specs.declared.option.Option.the-variants.{None};
+ghost use Rattle.tray.specs.Buckets.{list-of, Inserted, Removed};
 use lists::dense::get_at;
 use lists::dense::push_at;
 use lists::dense::remove_at;
 use lists::refusal::Refusal;
 use lists::solver_contact_graph::ContactRef;
+use lists::solver_contact_graph::GENERIC_BUCKET;
 use lists::solver_contact_graph::GraphPos;
+
+const BUCKETS: usize = 130;
 
 const ROOM: usize = 8;
 
-// One list of references for each of the 130 buckets, in one table with ROOM places to a bucket.
+const PLACES: usize = BUCKETS * ROOM;
+
+// One list of references for each bucket, in one table with ROOM places to a bucket.
 #[derive(Drop)]
 pub struct Buckets {
-    places: [ContactRef; 1040],
-    lens: [usize; 130],
+    places: [ContactRef; PLACES],
+    lens: [usize; BUCKETS],
 }
 
 impl Buckets {
-    pub fn new() -> Buckets {
+    pub fn new() -> Buckets
+        ensures { λ r. ⌜ ((b : ℕ) → list-of r b ≡ []) ⌝ }
+    {
         Buckets {
             places: [ContactRef {
                 pair: 0,
                 ordinal: 0,
-            }; 1040],
-            lens: [0; 130],
+            }; PLACES],
+            lens: [0; BUCKETS],
         }
     }
 
-    pub fn get(&self, bucket: u32, local: usize) -> Option<ContactRef> {
-        if bucket > 129 {
+    pub fn get(&self, bucket: u32, local: usize) -> Option<ContactRef>
+        ensures { λ r. ⌜ r ≡ cond (leb bucket 129) (nth (list-of (now (self .entry)) bucket) local) None ⌝ }
+    {
+        if bucket > GENERIC_BUCKET {
             return None;
         }
         let b = bucket as usize;
@@ -35,8 +53,10 @@ impl Buckets {
     }
 
     // Puts the reference at the end of the bucket's list, and answers its position.
-    pub fn insert(&mut self, bucket: u32, contact: ContactRef) -> Result<GraphPos, Refusal> {
-        if bucket > 129 {
+    pub fn insert(&mut self, bucket: u32, contact: ContactRef) -> Result<GraphPos, Refusal>
+        ensures { λ r. ⌜ Inserted (now (self .entry)) bucket contact r (now (self .exit)) ⌝ }
+    {
+        if bucket > GENERIC_BUCKET {
             return Err(Refusal::NoSuchPlace);
         }
         let b = bucket as usize;
@@ -47,9 +67,11 @@ impl Buckets {
     }
 
     // Takes out the reference at the position, and answers the one that moved into the gap.
-    pub fn remove(&mut self, pos: GraphPos) -> Result<Option<ContactRef>, Refusal> {
+    pub fn remove(&mut self, pos: GraphPos) -> Result<Option<ContactRef>, Refusal>
+        ensures { λ r. ⌜ Removed (now (self .entry)) pos r (now (self .exit)) ⌝ }
+    {
         let bucket = pos.bucket();
-        if bucket > 129 {
+        if bucket > GENERIC_BUCKET {
             return Err(Refusal::NoSuchPlace);
         }
         let b = bucket as usize;

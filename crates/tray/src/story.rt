@@ -15,7 +15,7 @@ const WASHER: usize = 3;
 
 const NUT: usize = 4;
 
-const NAMES: [&str; 5] = ["tray", "gripper", "screw", "washer", "nut"];
+const NAMES: [&str; BODIES] = ["tray", "gripper", "screw", "washer", "nut"];
 
 enum Step {
     TakeIn(usize, usize),

@@ -1,4 +1,6 @@
+ghost use denote.Ref.{now};
 ghost use Rattle.tray.specs.Colours.{Colour-for};
+ghost use Rattle.tray.specs.Moves.{Struck-out, Taken-in};
 use crate::buckets::Buckets;
 use lists::refusal::Refusal;
 use lists::solver_contact_graph::ContactRef;
@@ -8,6 +10,7 @@ use masks::mask::Mask;
 pub const BODIES: usize = 5;
 
 pub const CONTACTS: usize = 8;
+
 // The bucket of the contacts that found no colour.
 const OVERFLOW: u32 = 128;
 
@@ -29,8 +32,8 @@ pub struct Contact {
 
 #[derive(Drop)]
 pub struct Tray {
-    pub bodies: [Body; 5],
-    pub contacts: [Contact; 8],
+    pub bodies: [Body; BODIES],
+    pub contacts: [Contact; CONTACTS],
     pub count: usize,
     pub buckets: Buckets,
 }
@@ -54,7 +57,7 @@ impl Tray {
         };
         Tray {
             bodies: [fixed, moving, moving, moving, moving],
-            contacts: [nothing; 8],
+            contacts: [nothing; CONTACTS],
             count: 0,
             buckets: Buckets::new(),
         }
@@ -62,7 +65,9 @@ impl Tray {
 
     // Takes a contact in: colours it against its bodies and puts it into its colour's bucket.
     // Answers its number.
-    pub fn take_in(&mut self, first: usize, second: usize) -> Result<usize, Refusal> {
+    pub fn take_in(&mut self, first: usize, second: usize) -> Result<usize, Refusal>
+        ensures { λ r. ⌜ Taken-in (now (self .entry)) r (now (self .exit)) ⌝ }
+    {
         if first >= BODIES || second >= BODIES {
             return Err(Refusal::NoSuchPlace);
         }
@@ -80,33 +85,30 @@ impl Tray {
                     ordinal: 0,
                 },
             )?;
-        if let Some(color) = color {
-            mark(&mut self.bodies[first], color);
-            mark(&mut self.bodies[second], color);
-        }
-        self.contacts[number] = Contact {
+        let contact = Contact {
             first,
             second,
             color,
             pos,
         };
+        claim(&mut self.bodies, contact);
+        self.contacts[number] = contact;
         self.count = number + 1;
         Ok(number)
     }
 
     // Strikes a contact out: the last reference of its bucket moves into the gap, and its contact,
     // whose number is answered, gets that position.
-    pub fn strike_out(&mut self, number: usize) -> Result<Option<usize>, Refusal> {
+    pub fn strike_out(&mut self, number: usize) -> Result<Option<usize>, Refusal>
+        ensures { λ _. ⌜ Struck-out (now (self .entry)) number (now (self .exit)) ⌝ }
+    {
         if number >= CONTACTS {
             return Err(Refusal::NoSuchPlace);
         }
         let contact = self.contacts[number];
         let moved = self.buckets.remove(contact.pos)?;
         self.contacts[number].pos = GraphPos::NONE;
-        if let Some(color) = contact.color {
-            self.release(contact.first, color);
-            self.release(contact.second, color);
-        }
+        release(&mut self.bodies, contact);
         let Some(moved) = moved else {
             return Ok(None);
         };
@@ -115,12 +117,6 @@ impl Tray {
             self.contacts[mended].pos = contact.pos;
         }
         Ok(Some(mended))
-    }
-
-    fn release(&mut self, body: usize, color: u32) {
-        if body < BODIES {
-            self.bodies[body].mask = self.bodies[body].mask.without(color);
-        }
     }
 }
 
@@ -136,11 +132,29 @@ fn choose_color(first: Body, second: Body) -> Option<u32>
     }
 }
 
-fn mark(body: &mut Body, color: u32) {
-    if body.fixed {
+// Gives a contact's colour to those of its bodies that move.
+fn claim(bodies: &mut [Body; BODIES], contact: Contact) {
+    let Some(color) = contact.color else {
         return;
+    };
+    for body in [contact.first, contact.second] {
+        if body < BODIES
+            && !bodies[body].fixed
+            && let Some(mask) = bodies[body].mask.with(color)
+        {
+            bodies[body].mask = mask;
+        }
     }
-    if let Some(mask) = body.mask.with(color) {
-        body.mask = mask;
+}
+
+// Takes a contact's colour off its bodies.
+fn release(bodies: &mut [Body; BODIES], contact: Contact) {
+    let Some(color) = contact.color else {
+        return;
+    };
+    for body in [contact.first, contact.second] {
+        if body < BODIES {
+            bodies[body].mask = bodies[body].mask.without(color);
+        }
     }
 }
