@@ -1,4 +1,6 @@
 // Results that are known beforehand, worked out by hand from the rules: one list, proved as a whole.
+#![tactic(auto)]
+
 ghost use Rattle.std.specs.Prelude.{◌≡◌, length};
 ghost use Rattle.std.specs.List.{AllByRecursion};
 ghost use Rattle.known.specs.Known.{Holds, result_list};

@@ -1,5 +1,7 @@
 // A small tray: contacts come in, take a colour and a place in that colour's bucket, and are struck
 // out again.
+#![tactic(auto)]
+
 mod buckets;
 mod story;
 mod tray;
