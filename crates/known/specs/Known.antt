@@ -23,7 +23,7 @@ Holds (colour_of_one a c) = highest_free (holds a) 128 ≡ c
 Holds (removal xs i ys moved) = (last_into_gap xs i ≡ ys) × (slice_get ys i ≡ moved)
 
 abbrev pub mask : ℕ → ℕ → Mask
-mask lo hi = record { lo = lo; hi = hi }
+mask low high = record { words = low ∷ high ∷ [] }
 
 abbrev pub result_list : List Known
 result_list =

@@ -1,119 +1,89 @@
-ghost use Rattle.std.specs.Prelude.{◌≡◌, ◌≤◌, [], length};
-ghost use Rattle.std.specs.List.{slice_get};
-ghost use Rattle.lists.specs.Dense.{items, room, Pushed, Removed, Replaced};
+ghost use Rattle.std.specs.Prelude.{◌≤◌, length};
 
 use crate::dense::{get_at, push_at, remove_at, set_at};
 use crate::refusal::Refusal;
 
-// A list over given places. Its elements stand at the places 0 to `len - 1`, with no gap.
+// A list over given places, so that nothing is on the heap. Its elements stand at the places 0 to
+// `len - 1`, with no gap.
 #[derive(Drop)]
 pub struct DenseList<'a, T> {
-    raw: RawList<'a, T>,
-    ghost inside: { raw.len ≤ room raw },
-}
-
-// The same without its invariant, so that the places can be lent to the functions of `dense`.
-#[derive(Drop)]
-struct RawList<'a, T> {
     places: &'a mut [T],
     len: usize,
+    ghost inside: { len ≤ length places.now },
 }
 
 impl<'a, T: Copy> DenseList<'a, T> {
+    ghost use Rattle.std.specs.Prelude.{◌≡◌, [], ◌∷◌, ◌++◌, length, if◌then◌else◌, nat_lt, Some, Ok, Err, OnOk, OnErr, slice_set};
+    ghost use Rattle.std.specs.List.{slice_get};
+    ghost use Rattle.lists.specs.declared.refusal.Refusal.TheVariants.{NoSuchPlace, NoRoom};
+    ghost use Rattle.lists.specs.Dense.{items, room, last_into_gap, GapFilled, IsUnchanged};
+
     // The empty list. What the places hold is not looked at.
     pub fn new(places: &'a mut [T]) -> DenseList<'a, T>
-        ensures list { items result.raw ≡ [] }
-        ensures room { room result.raw ≡ length places.old }
+        ensures list { items result ≡ [] }
+        ensures room { room result ≡ length places.old }
     {
-        DenseList {
-            raw: RawList { places, len: 0 },
-        }
+        DenseList { places, len: 0 }
+    }
+
+    pub fn as_slice(&self) -> &[T]
+        ensures { result.now ≡ items self.now }
+    {
+        &self.places[..self.len]
     }
 
     pub fn len(&self) -> usize
-        ensures { result ≡ length (items self.now.raw) }
+        ensures { result ≡ length (items self.now) }
     {
-        self.raw.len
+        self.as_slice().len()
     }
 
     // The element at `at`, or none past the end.
     pub fn get(&self, at: usize) -> Option<T>
-        ensures { result ≡ slice_get (items self.now.raw) at }
-    {
-        self.raw.get(at)
-    }
-
-    // Puts `x` at the end; refused where no place is left.
-    pub fn push(&mut self, x: T) -> Result<(), Refusal>
-        ensures { Pushed self.old.raw x result self.new.raw }
-    {
-        self.raw.push(x)
-    }
-
-    // Takes out the element at `at`: the last one moves into the gap, and is answered unless it was
-    // the one taken out. Refused past the end.
-    pub fn remove(&mut self, at: usize) -> Result<Option<T>, Refusal>
-        ensures { Removed self.old.raw at result self.new.raw }
-    {
-        self.raw.remove(at)
-    }
-
-    // Writes `x` over the element at `at`; refused past the end.
-    pub fn set(&mut self, at: usize, x: T) -> Result<(), Refusal>
-        ensures { Replaced self.old.raw at x result self.new.raw }
-    {
-        self.raw.set(at, x)
-    }
-
-    pub fn clear(&mut self)
-        ensures list { items self.new.raw ≡ [] }
-        ensures room { room self.new.raw ≡ room self.old.raw }
-    {
-        self.raw.clear()
-    }
-}
-
-impl<'a, T: Copy> RawList<'a, T> {
-    fn get(&self, at: usize) -> Option<T>
         ensures { result ≡ slice_get (items self.now) at }
     {
         get_at(self.places, self.len, at)
     }
 
-    fn push(&mut self, x: T) -> Result<(), Refusal>
-        requires { self.old.len ≤ room self.old }
-        ensures pushed { Pushed self.old x result self.new }
-        ensures inside { self.new.len ≤ room self.new }
+    // Puts `x` at the end; refused where no place is left.
+    pub fn push(&mut self, x: T) -> Result<(), Refusal>
+        ensures answer { result ≡ (if nat_lt (length (items self.old)) (room self.old) then Ok tt else Err NoRoom) }
+        ensures list { OnOk result (items self.new ≡ items self.old ++ x ∷ []) }
+        ensures last { OnOk result (slice_get (items self.new) (length (items self.old)) ≡ Some x) }
+        ensures refused { OnErr result (IsUnchanged self.old self.new) }
+        ensures kept { room self.new ≡ room self.old }
     {
-        let len = self.len;
-        self.len = push_at(self.places, len, x)?;
+        self.len = push_at(self.places, self.len, x)?;
         Ok(())
     }
 
-    fn remove(&mut self, at: usize) -> Result<Option<T>, Refusal>
-        requires { self.old.len ≤ room self.old }
-        ensures removed { Removed self.old at result self.new }
-        ensures inside { self.new.len ≤ room self.new }
+    // Takes out the element at `at`: the last one moves into the gap, and is answered unless it was
+    // the one taken out. Refused past the end.
+    pub fn remove(&mut self, at: usize) -> Result<Option<T>, Refusal>
+        ensures answer { result ≡ (if nat_lt at (length (items self.old)) then Ok (slice_get (items self.new) at) else Err NoSuchPlace) }
+        ensures list { OnOk result (items self.new ≡ last_into_gap (items self.old) at) }
+        ensures law { OnOk result (GapFilled (items self.old) at (items self.new)) }
+        ensures refused { OnErr result (IsUnchanged self.old self.new) }
+        ensures kept { room self.new ≡ room self.old }
     {
-        let len = self.len;
-        let moved = remove_at(self.places, len, at)?;
-        self.len = len - 1;
+        let moved = remove_at(self.places, self.len, at)?;
+        self.len -= 1;
         Ok(moved)
     }
 
-    fn set(&mut self, at: usize, x: T) -> Result<(), Refusal>
-        requires { self.old.len ≤ room self.old }
-        ensures replaced { Replaced self.old at x result self.new }
-        ensures inside { self.new.len ≤ room self.new }
+    // Writes `x` over the element at `at`; refused past the end.
+    pub fn set(&mut self, at: usize, x: T) -> Result<(), Refusal>
+        ensures answer { result ≡ (if nat_lt at (length (items self.old)) then Ok tt else Err NoSuchPlace) }
+        ensures list { items self.new ≡ slice_set (items self.old) at x }
+        ensures refused { OnErr result (IsUnchanged self.old self.new) }
+        ensures kept { room self.new ≡ room self.old }
     {
-        let len = self.len;
-        set_at(self.places, len, at, x)
+        set_at(self.places, self.len, at, x)
     }
 
-    fn clear(&mut self)
+    pub fn clear(&mut self)
         ensures list { items self.new ≡ [] }
         ensures kept { room self.new ≡ room self.old }
-        ensures inside { self.new.len ≤ room self.new }
     {
         self.len = 0;
     }

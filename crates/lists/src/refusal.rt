@@ -1,5 +1,8 @@
-ghost use Rattle.std.specs.Prelude.{◌≡◌};
+ghost use Rattle.std.specs.Prelude.{◌≡◌, ◌++◌, Some, codes, decimal};
 ghost use Rattle.lists.specs.Refusals.{number_of};
+
+use std::error::Error;
+use std::fmt;
 
 // Why a call was refused: one case for each condition that a call checks.
 #[derive(Clone, Copy, PartialEq, Eq, Debug)]
@@ -10,11 +13,21 @@ pub enum Refusal {
     NoRoom = 14,
 }
 
-impl Refusal {
-    // The number by which the formats name the refusal.
-    pub fn number(self) -> u32
-        ensures { result ≡ number_of self }
-    {
-        self as u32
+// The number by which the formats name the refusal.
+impl From<Refusal> for u32 {
+    ghost from_gives = { λ refusal number. number ≡ number_of refusal };
+
+    fn from(refusal: Refusal) -> u32 {
+        refusal as u32
     }
 }
+
+impl fmt::Display for Refusal {
+    ghost output = { λ refusal. Some (codes "no " ++ decimal (number_of refusal)) };
+
+    fn fmt<W: fmt::Write>(&self, f: &mut fmt::Formatter<W>) -> fmt::Result {
+        write!(f, "no {}", u32::from(*self))
+    }
+}
+
+impl Error for Refusal {}

@@ -1,13 +1,15 @@
-ghost use Rattle.std.specs.Prelude.{◌≡◌, not, ◌==◌};
-ghost use Rattle.lists.specs.Positions.{position, bucket_of, local_of, none, NamesOnePlace};
+ghost use Rattle.std.specs.Prelude.{◌≡◌, ◌↔◌, IsTrue};
+ghost use Rattle.lists.specs.Positions.{position, bucket_of, local_of, word_of, IsPlace, NamesOnePlace};
 
 use crate::refusal::Refusal;
 
 // The last bucket, of the manifolds that have a jointed body. Below it are one for each colour, and
-// one for the manifolds that have none.
+// one for the manifolds that have none. Buckets go by number and not by an enum, since the number is
+// a part of a position's word and the formats show it.
 pub const GENERIC_BUCKET: u32 = 129;
 
-// A manifold that the solver sees: its pair, and its ordinal among the pair's manifolds.
+// A manifold that the solver sees: its pair, and its ordinal among the pair's manifolds. Both are
+// places in tables, and not references: the tables are given once, and nothing is on the heap.
 #[derive(Clone, Copy, PartialEq, Eq, Debug)]
 pub struct ContactRef {
     pub pair: u32,
@@ -25,10 +27,12 @@ pub struct GraphPos {
 }
 
 impl GraphPos {
-    // The manifold is in no bucket.
+    // The manifold is in no bucket. It is a word like the others, and not an `Option`, since a manifold
+    // has one word for its position in its table entry, as in the Rust.
     pub const NONE: GraphPos = GraphPos { word: u32::MAX };
 
     // Refused unless the bucket is at most 129 and the place fits its bits.
+    #[tactic(auto, using(crate::proofs::Places::position_made, crate::proofs::Places::sole))]
     pub fn new(bucket: u32, local: u32) -> Result<GraphPos, Refusal>
         ensures value { result ≡ position bucket local }
         ensures law { NamesOnePlace bucket local result }
@@ -42,9 +46,9 @@ impl GraphPos {
     }
 
     pub fn is_some(self) -> bool
-        ensures { result ≡ not (self.word == none) }
+        ensures { IsTrue result ↔ IsPlace self }
     {
-        self.word != Self::NONE.word
+        self != Self::NONE
     }
 
     pub fn bucket(self) -> u32
@@ -58,12 +62,13 @@ impl GraphPos {
     {
         self.word % LOCALS
     }
+}
 
-    // The position as one number: bucket × 4,194,304 + local.
-    pub fn word(self) -> u32
-        ensures { result ≡ self.word }
-    {
-        let GraphPos { word } = self;
-        word
+// The position as one number: bucket × 4,194,304 + local.
+impl From<GraphPos> for u32 {
+    ghost from_gives = { λ pos word. word ≡ word_of pos };
+
+    fn from(pos: GraphPos) -> u32 {
+        pos.word
     }
 }

@@ -1,3 +1,2 @@
-pub mod Bits
-pub mod Sets
+pub mod Words
 pub mod Frees

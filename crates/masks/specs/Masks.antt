@@ -1,19 +1,16 @@
 -- Sets of numbers below 128, as two words.
-use Rattle.std.specs.Prelude.{◌≡◌, ℕ, zero, suc, ◌-◌, ◌/◌, ◌%◌, ◌^◌, ◌<◌, ◌≤◌, Bool, true, false, cond, ◌||◌, List, [], ◌∷◌, Some, None, Option, ◌==◌, nat_lt}
+use Rattle.std.specs.Prelude.{◌≡◌, ℕ, zero, suc, ◌/◌, ◌%◌, ◌<◌, ◌≤◌, Bool, true, false, if◌then◌else◌, ◌||◌, List, [], ◌∷◌, Some, None, Option, ◌==◌, slice_index}
+use Rattle.std.specs.Int.{bit_at}
 use Rattle.std.specs.List.{range_with_len}
 use Rattle.masks.specs.declared.mask.Mask.{Mask}
 
 -- whether the bit k of n is set
 abbrev pub bit : ℕ → ℕ → Bool
-bit n k = n / 2 ^ k % 2 == 1
-
--- whether the bit k of two words is set, the low one first
-abbrev pub bits : ℕ → ℕ → ℕ → Bool
-bits lo hi k = cond (nat_lt k 64) (bit lo k) (bit hi (k - 64))
+bit n k = bit_at n k == 1
 
 -- whether k is in the set
 abbrev pub holds : Mask → ℕ → Bool
-holds m = bits m.lo m.hi
+holds m k = bit (slice_index m.words (k / 64)) (k % 64)
 
 -- the set with n in it; only numbers below 128 go in
 abbrev pub With : Mask → ℕ → Option Mask → Type 0
@@ -23,7 +20,7 @@ With m n (Some s) = (n < 128) × ((k : ℕ) → holds s k ≡ (holds m k || k ==
 -- the first of some numbers that is not taken
 abbrev pub first_free : (ℕ → Bool) → List ℕ → Option ℕ
 first_free taken [] = None
-first_free taken (c ∷ cs) = cond (taken c) (first_free taken cs) (Some c)
+first_free taken (c ∷ cs) = if taken c then first_free taken cs else Some c
 
 -- the numbers below n, falling
 abbrev pub falling : ℕ → List ℕ

@@ -1,79 +1,81 @@
-ghost use Rattle.std.specs.Prelude.{◌≡◌, ℕ, [], if◌then◌else◌, None, nat_le};
+ghost use Rattle.std.specs.Prelude.{◌≡◌, ◌≤◌, ℕ, [], ◌∷◌, ◌++◌, length, if◌then◌else◌, nat_le, nat_lt, slice_index_or, Ok, Err, OnOk, OnErr};
 ghost use Rattle.std.specs.List.{slice_get};
-ghost use Rattle.tray.specs.Buckets.{list_of, Inserted, Removed};
+ghost use Rattle.lists.specs.Dense.{last_into_gap};
+ghost use Rattle.lists.specs.Positions.{position, bucket_of, local_of};
+ghost use Rattle.lists.specs.declared.refusal.Refusal.TheVariants.{NoSuchPlace, NoRoom};
+ghost use Rattle.tray.specs.Buckets.{list_of, IsRelisted};
 
-use lists::dense::{get_at, push_at, remove_at};
+use crate::fixed_list::FixedList;
 use lists::refusal::Refusal;
 use lists::solver_contact_graph::{ContactRef, GENERIC_BUCKET, GraphPos};
+use std::array;
 
 const BUCKETS: usize = 130;
 
-const ROOM: usize = 8;
+// A bucket has room for 8 references.
+type Bucket = FixedList<ContactRef, 8>;
 
-const PLACES: usize = BUCKETS * ROOM;
-
-// One list of references for each bucket, in one table with ROOM places to a bucket.
+// One list of references for each bucket.
 #[derive(Drop)]
 pub struct Buckets {
-    places: [ContactRef; PLACES],
-    lens: [usize; BUCKETS],
+    lists: [Bucket; BUCKETS],
 }
 
 impl Buckets {
     pub fn new() -> Buckets
         ensures { (b : ℕ) → list_of result b ≡ [] }
     {
+        let nothing = ContactRef {
+            pair: 0,
+            ordinal: 0,
+        };
         Buckets {
-            places: [ContactRef {
-                pair: 0,
-                ordinal: 0,
-            }; PLACES],
-            lens: [0; BUCKETS],
+            lists: array::from_fn(|_| Bucket::new(nothing)),
         }
     }
 
-    pub fn get(&self, bucket: u32, local: usize) -> Option<ContactRef>
-        ensures { result ≡ (if nat_le bucket 129 then slice_get (list_of self.now bucket) local else None) }
+    // The lists, in the order of the buckets.
+    pub fn lists(&self) -> &[FixedList<ContactRef, 8>]
+        ensures order { (b : ℕ) → list_of self.now b ≡ slice_index_or result.now b [] }
+        ensures all { length result.now ≡ 130 }
     {
-        if bucket > GENERIC_BUCKET {
-            return None;
+        &self.lists
+    }
+
+    // The bucket's list. Past the last bucket there is none.
+    pub fn list(&self, bucket: u32) -> &[ContactRef]
+        ensures list { result.now ≡ list_of self.now bucket }
+        ensures room { length result.now ≤ 8 }
+    {
+        match self.lists.get(bucket as usize) {
+            Some(list) => list.as_slice(),
+            None => &[],
         }
-        let b = bucket as usize;
-        let start = b * ROOM;
-        get_at(&self.places[start..start + ROOM], self.lens[b], local)
     }
 
     // Puts the reference at the end of the bucket's list, and answers its position.
     pub fn insert(&mut self, bucket: u32, contact: ContactRef) -> Result<GraphPos, Refusal>
-        ensures { Inserted self.old bucket contact result self.new }
+        ensures answer { result ≡ (if nat_lt (length (list_of self.old bucket)) 8 then position bucket (length (list_of self.old bucket)) else Err NoRoom) }
+        ensures lists { OnOk result (IsRelisted self.old self.new bucket (list_of self.old bucket ++ contact ∷ [])) }
+        ensures refused { OnErr result (self.new ≡ self.old) }
     {
-        if bucket > GENERIC_BUCKET {
-            return Err(Refusal::NoSuchPlace);
-        }
-        let b = bucket as usize;
-        let start = b * ROOM;
-        let len = self.lens[b];
-        self.lens[b] = push_at(&mut self.places[start..start + ROOM], len, contact)?;
-        GraphPos::new(bucket, len as u32)
+        let local = self.list(bucket).len() as u32;
+        let pos = GraphPos::new(bucket, local)?;
+        self.lists[bucket as usize].push(contact)?;
+        Ok(pos)
     }
 
     // Takes out the reference at the position, and answers the one that moved into the gap.
     pub fn remove(&mut self, pos: GraphPos) -> Result<Option<ContactRef>, Refusal>
-        ensures { Removed self.old pos result self.new }
+        ensures answer { result ≡ (if nat_lt (local_of pos) (length (list_of self.old (bucket_of pos))) then Ok (slice_get (list_of self.new (bucket_of pos)) (local_of pos)) else Err NoSuchPlace) }
+        ensures lists { OnOk result (IsRelisted self.old self.new (bucket_of pos) (last_into_gap (list_of self.old (bucket_of pos)) (local_of pos))) }
+        ensures refused { OnErr result (self.new ≡ self.old) }
     {
+        // A test and an index, and no `get_mut`: after that a proof knows nothing of the lists.
         let bucket = pos.bucket();
         if bucket > GENERIC_BUCKET {
             return Err(Refusal::NoSuchPlace);
         }
-        let b = bucket as usize;
-        let start = b * ROOM;
-        let len = self.lens[b];
-        let moved = remove_at(
-            &mut self.places[start..start + ROOM],
-            len,
-            pos.local() as usize,
-        )?;
-        self.lens[b] = len - 1;
-        Ok(moved)
+        self.lists[bucket as usize].remove(pos.local() as usize)
     }
 }

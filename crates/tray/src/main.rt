@@ -3,6 +3,7 @@
 #![tactic(auto)]
 
 mod buckets;
+mod fixed_list;
 mod story;
 mod tray;
 

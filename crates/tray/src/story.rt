@@ -1,137 +1,148 @@
-use crate::tray::{BODIES, CONTACTS, Tray};
-use lists::solver_contact_graph::{GENERIC_BUCKET, GraphPos};
-use std::io;
+use crate::tray::{Contact, Tray};
+use lists::solver_contact_graph::GraphPos;
+use std::{fmt, io};
 
-const TRAY: usize = 0;
-
-const GRIPPER: usize = 1;
-
-const SCREW: usize = 2;
-
-const WASHER: usize = 3;
-
-const NUT: usize = 4;
-
-const NAMES: [&str; BODIES] = ["tray", "gripper", "screw", "washer", "nut"];
-
-enum Step {
-    TakeIn(usize, usize),
-    StrikeOut(usize),
+// The bodies, in the order of their numbers.
+#[derive(Clone, Copy)]
+enum Thing {
+    Tray,
+    Gripper,
+    Screw,
+    Washer,
+    Nut,
 }
 
-const STEPS: [Step; 11] = [
-    Step::TakeIn(SCREW, TRAY),
-    Step::TakeIn(WASHER, TRAY),
-    Step::TakeIn(GRIPPER, TRAY),
-    Step::TakeIn(GRIPPER, SCREW),
-    Step::TakeIn(GRIPPER, NUT),
-    Step::TakeIn(SCREW, NUT),
-    Step::TakeIn(TRAY, WASHER),
-    Step::StrikeOut(0),
-    Step::StrikeOut(3),
-    Step::StrikeOut(0),
-    Step::TakeIn(NUT, WASHER),
-];
+// What they are called: a table, since a contact has its bodies by number.
+const NAMES: [&str; 5] = ["tray", "gripper", "screw", "washer", "nut"];
 
-// The day of one small tray, step by step.
-pub fn tell(rt: &HostRuntime) -> io::Result<()> {
-    let mut tray = Tray::new();
-    for step in STEPS.iter() {
-        match step {
-            Step::TakeIn(first, second) => take_in(rt, &mut tray, *first, *second)?,
-            Step::StrikeOut(number) => strike_out(rt, &mut tray, *number)?,
-        }
-    }
-    show_lists(rt, &tray)?;
-    long_tray(rt)
-}
+// Prints the names of two bodies.
+#[derive(Clone, Copy)]
+struct Names([usize; 2]);
 
-fn take_in(rt: &HostRuntime, tray: &mut Tray, first: usize, second: usize) -> io::Result<()> {
-    match tray.take_in(first, second) {
-        Ok(number) => {
-            print!(rt; "in  ")?;
-            show_contact(rt, tray, number)
-        }
-        Err(refusal) => println!(rt;
-            "in  {}-{}: no {}",
-            name(first),
-            name(second),
-            refusal.number()
-        ),
+impl fmt::Display for Names {
+    fn fmt<W: fmt::Write>(&self, f: &mut fmt::Formatter<W>) -> fmt::Result {
+        let [first, second] = self.0.map(|body| NAMES.get(body).copied().unwrap_or("?"));
+        write!(f, "{first}-{second}")
     }
 }
 
-fn strike_out(rt: &HostRuntime, tray: &mut Tray, number: usize) -> io::Result<()> {
-    print!(rt; "out ")?;
-    show_name(rt, tray, number)?;
-    match tray.strike_out(number) {
-        Ok(None) => println!(rt; ": it was the last of its bucket, nothing moved"),
-        Ok(Some(moved)) => {
-            print!(rt; ": into the gap moved ")?;
-            show_contact(rt, tray, moved)
-        }
-        Err(refusal) => println!(rt; ": no {}", refusal.number()),
+// Prints a contact with its number, and where it stands.
+#[derive(Clone, Copy)]
+struct Standing {
+    number: usize,
+    contact: Contact,
+}
+
+impl fmt::Display for Standing {
+    fn fmt<W: fmt::Write>(&self, f: &mut fmt::Formatter<W>) -> fmt::Result {
+        let number = self.number;
+        let names = Names(self.contact.bodies);
+        write!(f, "{number} {names}: ")?;
+        let Some(pos) = self.contact.pos else {
+            return write!(f, "out");
+        };
+        let bucket = pos.bucket();
+        let local = pos.local();
+        let word = u32::from(pos);
+        write!(f, "bucket {bucket} place {local} (position {word})")
     }
 }
 
-fn name(body: usize) -> &'static str {
-    if body < BODIES { NAMES[body] } else { "?" }
+// The day of one small tray.
+#[derive(Drop)]
+struct Day<'r, R> {
+    rt: &'r R,
+    tray: Tray,
 }
 
-// A contact's number and its two bodies.
-fn show_name(rt: &HostRuntime, tray: &Tray, number: usize) -> io::Result<()> {
-    if number >= CONTACTS {
-        return print!(rt; "{number}");
-    }
-    let contact = tray.contacts[number];
-    print!(rt; "{number} {}-{}", name(contact.first), name(contact.second))
-}
-
-// The same with its place.
-fn show_contact(rt: &HostRuntime, tray: &Tray, number: usize) -> io::Result<()> {
-    show_name(rt, tray, number)?;
-    if number >= CONTACTS || !tray.contacts[number].pos.is_some() {
-        return println!(rt; ": out");
-    }
-    let pos = tray.contacts[number].pos;
-    println!(rt;
-        ": bucket {} place {} (position {})",
-        pos.bucket(),
-        pos.local(),
-        pos.word()
-    )
-}
-
-// The lists as they stand, and where each contact says that it stands.
-fn show_lists(rt: &HostRuntime, tray: &Tray) -> io::Result<()> {
-    for bucket in 0..=GENERIC_BUCKET {
-        if tray.buckets.get(bucket, 0).is_some() {
-            print!(rt; "bucket {bucket}:")?;
-            for place in 0..CONTACTS {
-                if let Some(contact) = tray.buckets.get(bucket, place) {
-                    print!(rt; " {}", contact.pair)?;
-                }
+impl<R: Print> Day<'_, R> {
+    fn take_in(&mut self, first: Thing, second: Thing) -> io::Result<()> {
+        let bodies = [first as usize, second as usize];
+        match self.tray.take_in(bodies[0], bodies[1]) {
+            Ok(number) => {
+                print!(self.rt; "in  ")?;
+                self.show(number)
             }
-            println!(rt; "")?;
+            Err(refusal) => println!(self.rt; "in  {}: {refusal}", Names(bodies)),
         }
     }
-    for number in 0..tray.count.min(CONTACTS) {
-        show_contact(rt, tray, number)?;
+
+    fn strike_out(&mut self, number: usize) -> io::Result<()> {
+        if let Some(contact) = self.tray.contacts.get(number) {
+            print!(self.rt; "out {number} {}", Names(contact.bodies))?;
+        }
+        match self.tray.strike_out(number) {
+            Ok(None) => println!(self.rt; ": it was the last of its bucket, nothing moved"),
+            Ok(Some(moved)) => {
+                print!(self.rt; ": into the gap moved ")?;
+                self.show(moved)
+            }
+            Err(refusal) => println!(self.rt; ": {refusal}"),
+        }
     }
-    Ok(())
+
+    fn show(&self, number: usize) -> io::Result<()> {
+        match self.tray.contacts.get(number) {
+            Some(contact) => println!(self.rt; "{}", Standing { number, contact }),
+            None => println!(self.rt; "{number}"),
+        }
+    }
+
+    // The lists as they stand, and where each contact says that it stands.
+    fn show_lists(&self) -> io::Result<()> {
+        for (bucket, list) in self.tray.buckets.lists().iter().enumerate() {
+            if !list.as_slice().is_empty() {
+                print!(self.rt; "bucket {bucket}:")?;
+                for contact in list.as_slice() {
+                    print!(self.rt; " {}", contact.pair)?;
+                }
+                println!(self.rt; "")?;
+            }
+        }
+        for (number, contact) in self.tray.contacts.as_slice().iter().enumerate() {
+            println!(self.rt;
+                "{}",
+                Standing {
+                    number,
+                    contact: *contact
+                }
+            )?;
+        }
+        Ok(())
+    }
+}
+
+pub fn tell(rt: &impl Print) -> io::Result<()> {
+    let mut day = Day {
+        rt,
+        tray: Tray::new(),
+    };
+    day.take_in(Thing::Screw, Thing::Tray)?;
+    day.take_in(Thing::Washer, Thing::Tray)?;
+    day.take_in(Thing::Gripper, Thing::Tray)?;
+    day.take_in(Thing::Gripper, Thing::Screw)?;
+    day.take_in(Thing::Gripper, Thing::Nut)?;
+    day.take_in(Thing::Screw, Thing::Nut)?;
+    day.take_in(Thing::Tray, Thing::Washer)?;
+    day.strike_out(0)?;
+    day.strike_out(3)?;
+    day.strike_out(0)?;
+    day.take_in(Thing::Nut, Thing::Washer)?;
+    day.show_lists()?;
+    long_tray(rt)
 }
 
 // A tray so long that a place outgrows its bits in the position's word. Packed unseen, the screw's
 // position is the gripper's, and to strike out the screw is to strike out the gripper.
-fn long_tray(rt: &HostRuntime) -> io::Result<()> {
+fn long_tray(rt: &impl Print) -> io::Result<()> {
     for (who, place) in [("gripper", 3), ("screw", 4194307)] {
         print!(rt;
             "{who} at bucket 5 place {place}: packed unseen {}, ",
             packed_unseen(5, place)
         )?;
         match GraphPos::new(5, place) {
-            Ok(pos) => println!(rt; "position {}", pos.word())?,
-            Err(refusal) => println!(rt; "no {}", refusal.number())?,
+            Ok(pos) => println!(rt; "position {}", u32::from(pos))?,
+            Err(refusal) => println!(rt; "{refusal}")?,
         }
     }
     Ok(())

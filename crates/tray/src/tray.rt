@@ -1,63 +1,66 @@
-ghost use Rattle.tray.specs.Colours.{ColourFor};
-ghost use Rattle.tray.specs.Moves.{StruckOut, TakenIn};
+ghost use Rattle.std.specs.Prelude.{◌≡◌, ℕ, [], Some, ◌+◌, ◌<◌, ◌≤◌, ◌⊎◌, ◌↔◌, length, take, IsOk, IsErrOf, IfOk, OnOk, OnErr, IsSomeAnd};
+ghost use Rattle.std.specs.List.{slice_get};
+ghost use Rattle.tray.specs.Buckets.{list_of};
+ghost use Rattle.tray.specs.Colours.{ColourFor, IsUncoloured};
+ghost use Rattle.tray.specs.declared.tray.Body.TheVariants.{Fixed};
+ghost use Rattle.tray.specs.Moves.{StruckOut, TakenIn, contact_of, pos_of, with_pos, struck, answer_of, HasRoom, IsContactOf, IsInItsBucket};
+ghost use Rattle.lists.specs.declared.refusal.Refusal.TheVariants.{NoSuchPlace};
 
 use crate::buckets::Buckets;
+use crate::fixed_list::FixedList;
 use lists::refusal::Refusal;
 use lists::solver_contact_graph::{ContactRef, GraphPos};
 use masks::mask::Mask;
 
-pub const BODIES: usize = 5;
+// How many bodies there are: the tray itself and what lies on it.
+const BODIES: usize = 5;
 
-pub const CONTACTS: usize = 8;
+// How many contacts it has room for.
+const CONTACTS: usize = 8;
 
-// The bucket of the contacts that found no colour.
+// The bucket of the contacts that found no colour. Buckets go by number.
 const OVERFLOW: u32 = 128;
 
-// A thing on the tray, or the tray itself, with the colours of its contacts.
+// A body is fixed, or it moves and has the colours of its contacts.
 #[derive(Clone, Copy)]
-pub struct Body {
-    pub fixed: bool,
-    pub mask: Mask,
+pub enum Body {
+    Fixed,
+    Moving(Mask),
 }
 
-// A contact of two bodies: its colour, if it found one, and where its reference stands.
+// A contact of two bodies, by their numbers: its colour, if it found one, and where its reference
+// stands, if it has not been struck out.
 #[derive(Clone, Copy)]
 pub struct Contact {
-    pub first: usize,
-    pub second: usize,
+    pub bodies: [usize; 2],
     pub color: Option<u32>,
-    pub pos: GraphPos,
+    pub pos: Option<GraphPos>,
 }
 
 #[derive(Drop)]
 pub struct Tray {
     pub bodies: [Body; BODIES],
-    pub contacts: [Contact; CONTACTS],
-    pub count: usize,
+    pub contacts: FixedList<Contact, CONTACTS>,
     pub buckets: Buckets,
 }
 
 impl Tray {
     // An empty tray. Body 0, the tray itself, is fixed.
-    pub fn new() -> Tray {
-        let moving = Body {
-            fixed: false,
-            mask: Mask::new(),
-        };
-        let fixed = Body {
-            fixed: true,
-            mask: Mask::new(),
-        };
+    pub fn new() -> Tray
+        ensures contacts { result.contacts ≡ [] }
+        ensures lists { (b : ℕ) → list_of result.buckets b ≡ [] }
+        ensures fixed { slice_get result.bodies 0 ≡ Some Fixed }
+        ensures moving { (b : ℕ) → 0 < b → b < 5 → IsSomeAnd (slice_get result.bodies b) IsUncoloured }
+    {
+        let moving = Body::Moving(Mask::new());
         let nothing = Contact {
-            first: 0,
-            second: 0,
+            bodies: [0, 0],
             color: None,
-            pos: GraphPos::NONE,
+            pos: None,
         };
         Tray {
-            bodies: [fixed, moving, moving, moving, moving],
-            contacts: [nothing; CONTACTS],
-            count: 0,
+            bodies: [Body::Fixed, moving, moving, moving, moving],
+            contacts: FixedList::new(nothing),
             buckets: Buckets::new(),
         }
     }
@@ -65,94 +68,96 @@ impl Tray {
     // Takes a contact in: colours it against its bodies and puts it into its colour's bucket.
     // Answers its number.
     pub fn take_in(&mut self, first: usize, second: usize) -> Result<usize, Refusal>
-        ensures { TakenIn self.old result self.new }
+        ensures taken { IfOk result (λ n. TakenIn self.old n self.new) }
+        ensures contact { IfOk result (λ n. IsSomeAnd (contact_of self.new n) (IsContactOf self.old first second)) }
+        ensures bucket { IfOk result (λ n. IsSomeAnd (contact_of self.new n) IsInItsBucket) }
+        ensures others { IfOk result (λ n. (take n self.new.contacts ≡ self.old.contacts) × (length self.new.contacts ≡ n + 1)) }
+        ensures unknown { IsErrOf result NoSuchPlace ↔ ((5 ≤ first) ⊎ (5 ≤ second)) }
+        ensures accepted { first < 5 → second < 5 → HasRoom self.old → IsOk result }
+        ensures refused { OnErr result (self.new ≡ self.old) }
     {
-        if first >= BODIES || second >= BODIES {
-            return Err(Refusal::NoSuchPlace);
-        }
-        let number = self.count;
-        if number >= CONTACTS {
+        let first_body = self.bodies.get(first).ok_or(Refusal::NoSuchPlace)?;
+        let second_body = self.bodies.get(second).ok_or(Refusal::NoSuchPlace)?;
+        if self.contacts.is_full() {
             return Err(Refusal::NoRoom);
         }
-        let color = choose_color(self.bodies[first], self.bodies[second]);
-        let bucket = color.unwrap_or(OVERFLOW);
+        let number = self.contacts.as_slice().len();
+        let color = choose_color(first_body, second_body);
         let pos = self.buckets.insert(
-            bucket,
+            color.unwrap_or(OVERFLOW),
             ContactRef {
                 pair: number as u32,
                 ordinal: 0,
             },
         )?;
         let contact = Contact {
-            first,
-            second,
+            bodies: [first, second],
             color,
-            pos,
+            pos: Some(pos),
         };
-        claim(&mut self.bodies, contact);
-        self.contacts[number] = contact;
-        self.count = number + 1;
+        self.contacts.push(contact).unwrap();
+        recolor(&mut self.bodies, contact, |mask, color| {
+            mask.with(color).unwrap_or(mask)
+        });
         Ok(number)
     }
 
     // Strikes a contact out: the last reference of its bucket moves into the gap, and its contact,
     // whose number is answered, gets that position.
     pub fn strike_out(&mut self, number: usize) -> Result<Option<usize>, Refusal>
-        ensures { StruckOut self.old number self.new }
+        ensures answer { result ≡ answer_of self.old.buckets (pos_of self.old number) }
+        ensures lists { OnOk result (StruckOut self.old number self.new) }
+        ensures contacts { IfOk result (λ moved. self.new.contacts ≡ struck self.old.contacts number moved (pos_of self.old number)) }
+        ensures refused { OnErr result (self.new ≡ self.old) }
     {
-        if number >= CONTACTS {
-            return Err(Refusal::NoSuchPlace);
+        let contact = self.contacts.get(number).ok_or(Refusal::NoSuchPlace)?;
+        let pos = contact.pos.ok_or(Refusal::NoSuchPlace)?;
+        let moved = self.buckets.remove(pos)?;
+        self.place(number, None);
+        recolor(&mut self.bodies, contact, Mask::without);
+        let moved = moved.map(|contact| contact.pair as usize);
+        if let Some(moved) = moved {
+            self.place(moved, Some(pos));
         }
-        let contact = self.contacts[number];
-        let moved = self.buckets.remove(contact.pos)?;
-        self.contacts[number].pos = GraphPos::NONE;
-        release(&mut self.bodies, contact);
-        let Some(moved) = moved else {
-            return Ok(None);
-        };
-        let mended = moved.pair as usize;
-        if mended < CONTACTS {
-            self.contacts[mended].pos = contact.pos;
+        Ok(moved)
+    }
+
+    // Says where a contact stands, if it is on the tray.
+    fn place(&mut self, number: usize, pos: Option<GraphPos>)
+        ensures contacts { self.new.contacts ≡ with_pos self.old.contacts number pos }
+        ensures buckets { self.new.buckets ≡ self.old.buckets }
+    {
+        if let Some(contact) = self.contacts.get(number) {
+            self.contacts
+                .set(number, Contact { pos, ..contact })
+                .unwrap();
         }
-        Ok(Some(mended))
+    }
+}
+
+// Changes the colours of those of a contact's bodies that move, by the contact's own, if it has one.
+fn recolor<F: Fn(Mask, u32) -> Mask>(bodies: &mut [Body], contact: Contact, change: F)
+    requires { F.IsAlwaysCallable change }
+{
+    let Some(color) = contact.color else {
+        return;
+    };
+    for body in contact.bodies {
+        if let Some(Body::Moving(mask)) = bodies.get_mut(body) {
+            *mask = change(*mask, color);
+        }
     }
 }
 
 // The colour of a contact of the two bodies, by the colours in use at those that move.
-fn choose_color(first: Body, second: Body) -> Option<u32>
-    ensures { ColourFor first second result }
+#[tactic(auto, using(masks::proofs::Frees::lowest_like))]
+fn choose_color(first: &Body, second: &Body) -> Option<u32>
+    ensures { ColourFor first.now second.now result }
 {
-    match (first.fixed, second.fixed) {
-        (false, false) => first.mask.union(second.mask).lowest_free(),
-        (false, true) => first.mask.highest_free(),
-        (true, false) => second.mask.highest_free(),
-        (true, true) => None,
-    }
-}
-
-// Gives a contact's colour to those of its bodies that move.
-fn claim(bodies: &mut [Body; BODIES], contact: Contact) {
-    let Some(color) = contact.color else {
-        return;
-    };
-    for body in [contact.first, contact.second] {
-        if body < BODIES
-            && !bodies[body].fixed
-            && let Some(mask) = bodies[body].mask.with(color)
-        {
-            bodies[body].mask = mask;
-        }
-    }
-}
-
-// Takes a contact's colour off its bodies.
-fn release(bodies: &mut [Body; BODIES], contact: Contact) {
-    let Some(color) = contact.color else {
-        return;
-    };
-    for body in [contact.first, contact.second] {
-        if body < BODIES {
-            bodies[body].mask = bodies[body].mask.without(color);
-        }
+    match (first, second) {
+        (Body::Moving(a), Body::Moving(b)) => a.union(*b).lowest_free(),
+        (Body::Moving(mask), Body::Fixed) => mask.highest_free(),
+        (Body::Fixed, Body::Moving(mask)) => mask.highest_free(),
+        (Body::Fixed, Body::Fixed) => None,
     }
 }
