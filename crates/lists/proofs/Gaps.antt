@@ -40,10 +40,20 @@ module _ {X : Type 0} (xs : List X) (i : ℕ) (d : X) (within : i < length xs) w
   others_or : (k : ℕ) → k < length (swap_remove xs i d) → k ≢ i → get_or (swap_remove xs i d) k d ≡ get_or xs k d
   others_or k b ne = grind (arith, common_steps, one_fewer)
 
+  gap_filled_by : GapFilled xs i (swap_remove xs i d)
+  gap_filled_by =
+      let ys = swap_remove xs i d in
+      let l = one_fewer in
+      record {
+        one_fewer = l;
+        gap = λ b. slice_get-get_or ys i d b ∙ ap Some (gap_or b ∙ sym last_is) ∙ sym (slice_get-get_or xs (length ys) d (omega arith));
+        others = λ k b ne. slice_get-get_or ys k d b ∙ ap Some (others_or k b ne) ∙ sym (slice_get-get_or xs k d (omega arith));
+      }
+
 pub gap_law : {X : Type 0} (xs : List X) (i : ℕ) → i < length xs → GapFilled xs i (last_into_gap xs i)
 gap_law xs i h =
     let d = first_of xs (omega arith) in
-    subst (GapFilled xs i) (swap_remove-last_into_gap xs i d h) (record { one_fewer = one_fewer xs i d h; gap = λ b. slice_get-get_or (swap_remove xs i d) i d b ∙ ap Some (gap_or xs i d h b ∙ sym (last_is xs i d h)) ∙ sym (slice_get-get_or xs (length (swap_remove xs i d)) d (omega (arith, one_fewer xs i d h))); others = λ k b ne. slice_get-get_or (swap_remove xs i d) k d b ∙ ap Some (others_or xs i d h k b ne) ∙ sym (slice_get-get_or xs k d (omega (arith, one_fewer xs i d h))) })
+    subst (GapFilled xs i) (swap_remove-last_into_gap xs i d h) (gap_filled_by xs i d h)
 
 -- what stands in the first n - 1 places when the one at n - 1 was written to i
 pub gap_filled : {X : Type 0} (ps : List X) (n i : ℕ) (d : X) → i < n → n ≤ length ps → last_into_gap (take n ps) i ≡ take (n - 1) (set ps i (get_or ps (n - 1) d))

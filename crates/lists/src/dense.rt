@@ -1,6 +1,7 @@
 // The work on a dense list, over places and a length: the list stands in the first `len` places.
 // It serves `DenseList`, and a list in a part of a larger table, whose length lies elsewhere. There a
 // struct that borrows the part is no stand-in: its maker's proof loses what was written through it.
+// Writes are a test and an index, and no `get_mut`: after that a proof knows none of the elements.
 ghost use Rattle.std.specs.Prelude.{◌≡◌, ◌+◌, ◌-◌, [], ◌∷◌, ◌++◌, length, take, if◌then◌else◌, nat_lt, Some, Ok, Err, OnOk, OnErr, slice_set};
 ghost use Rattle.std.specs.List.{slice_get};
 ghost use Rattle.lists.specs.Dense.{has_place, last_into_gap, GapFilled};
@@ -12,10 +13,7 @@ use crate::refusal::Refusal;
 pub fn get_at<T: Copy>(places: &[T], len: usize, at: usize) -> Option<T>
     ensures { result ≡ slice_get (take len places.now) at }
 {
-    if at >= len {
-        return None;
-    }
-    places.get(at).copied()
+    places.iter().take(len).nth(at).copied()
 }
 
 // Puts `x` at the end, and answers the new length.

@@ -27,8 +27,8 @@ pub struct GraphPos {
 }
 
 impl GraphPos {
-    // The manifold is in no bucket. It is a word like the others, and not an `Option`, since a manifold
-    // has one word for its position in its table entry, as in the Rust.
+    // The manifold is in no bucket. It is a word like the others, and not an `Option`, since the rule
+    // book has a manifold's entry hold one word for its position, with a value of its own for none.
     pub const NONE: GraphPos = GraphPos { word: u32::MAX };
 
     // Refused unless the bucket is at most 129 and the place fits its bits.

@@ -1,7 +1,8 @@
 ghost use Rattle.std.specs.Prelude.{◌≡◌, ℕ, ◌↔◌, false, not, ◌&&◌, ◌||◌, ◌==◌, IsTrue};
 ghost use Rattle.masks.specs.Masks.{holds, With, lowest_free, LowestFree, highest_free, HighestFree};
 
-// A set of numbers below 128, as the bits of two words: `n` is the bit `n % 64` of the word `n / 64`.
+// A set of numbers below 128, as the bits of two words, in which the rule book keeps it: `n` is the
+// bit `n % 64` of the word `n / 64`.
 #[derive(Clone, Copy, PartialEq, Eq, Debug)]
 pub struct Mask {
     words: [u64; 2],

@@ -14,7 +14,7 @@ use Rattle.tray.specs.Colours.{ColourFor}
 
 -- the contact n, if there is one
 abbrev pub contact_of : Tray → ℕ → Option Contact
-contact_of t n = slice_get t.contacts n
+contact_of t n = slice_get t.contacts.items n
 
 -- the position of contact n, if there is one and it has not been struck out
 abbrev pub pos_of : Tray → ℕ → Option GraphPos
@@ -30,11 +30,11 @@ IsInItsBucket c = IsSomeAnd c.pos (λ p. bucket_of p ≡ unwrap_or c.color 128)
 
 -- there is room for one more contact, and in every bucket for its reference
 abbrev pub HasRoom : Tray → Type 0
-HasRoom t = (length t.contacts < 8) × ((b : ℕ) → length (list_of t.buckets b) < 8)
+HasRoom t = (length t.contacts.items < 8) × ((b : ℕ) → length (list_of t.buckets b) < 8)
 
 -- the contact is the next one, and stands at the end of its bucket's list, at its position; no other list changes
 abbrev pub TakenIn : Tray → ℕ → Tray → Type 0
-TakenIn old n new = (n ≡ length old.contacts) × IsSomeAnd (pos_of new n) (λ p. (local_of p ≡ length (list_of old.buckets (bucket_of p))) × IsRelisted old.buckets new.buckets (bucket_of p) (list_of old.buckets (bucket_of p) ++ record { pair = n; ordinal = 0 } ∷ []))
+TakenIn old n new = (n ≡ length old.contacts.items) × IsSomeAnd (pos_of new n) (λ p. (local_of p ≡ length (list_of old.buckets (bucket_of p))) × IsRelisted old.buckets new.buckets (bucket_of p) (list_of old.buckets (bucket_of p) ++ record { pair = n; ordinal = 0 } ∷ []))
 
 -- the contacts when n, if there is such a one, has got the position p
 abbrev pub with_pos : List Contact → ℕ → Option GraphPos → List Contact

@@ -1,19 +1,48 @@
-ghost use Rattle.std.specs.Prelude.{◌≡◌, ◌≤◌, ℕ, [], ◌∷◌, ◌++◌, length, if◌then◌else◌, nat_le, nat_lt, slice_index_or, Ok, Err, OnOk, OnErr};
+ghost use Rattle.std.specs.Prelude.{◌≡◌, ◌≤◌, ℕ, [], ◌∷◌, ◌++◌, length, if◌then◌else◌, nat_lt, slice_index_or, Ok, Err, OnOk, OnErr};
 ghost use Rattle.std.specs.List.{slice_get};
 ghost use Rattle.lists.specs.Dense.{last_into_gap};
 ghost use Rattle.lists.specs.Positions.{position, bucket_of, local_of};
 ghost use Rattle.lists.specs.declared.refusal.Refusal.TheVariants.{NoSuchPlace, NoRoom};
 ghost use Rattle.tray.specs.Buckets.{list_of, IsRelisted};
 
-use crate::fixed_list::FixedList;
+use lists::dense::{push_at, remove_at};
 use lists::refusal::Refusal;
 use lists::solver_contact_graph::{ContactRef, GENERIC_BUCKET, GraphPos};
 use std::array;
+use std::marker::Model;
 
 const BUCKETS: usize = 130;
 
-// A bucket has room for 8 references.
-type Bucket = FixedList<ContactRef, 8>;
+// How many references a bucket has room for.
+const ROOM: usize = 8;
+
+// The list of one bucket: a dense list in the first `len` of its places. The rule book has buckets use
+// the list of `lists`, so it is no `ArrayVec`; and no `DenseList`, which would borrow its places.
+#[derive(Drop)]
+pub struct Bucket {
+    places: [ContactRef; ROOM],
+    len: usize,
+}
+
+impl Model for Bucket {
+    ghost use Rattle.std.specs.Prelude.{◌≤◌, List, take};
+    ghost use Rattle.lists.specs.declared.solver_contact_graph.ContactRef.{ContactRef};
+
+    ghost Value = { List ContactRef };
+
+    ghost view = { λ b. take b.len b.places };
+
+    ghost invariant = { λ b. b.len ≤ 8 };
+}
+
+impl Bucket {
+    pub fn as_slice(&self) -> &[ContactRef]
+        ensures list { result.now ≡ self.now }
+        ensures room { length result.now ≤ 8 }
+    {
+        &self.places[..self.len]
+    }
+}
 
 // One list of references for each bucket.
 #[derive(Drop)]
@@ -30,12 +59,15 @@ impl Buckets {
             ordinal: 0,
         };
         Buckets {
-            lists: array::from_fn(|_| Bucket::new(nothing)),
+            lists: array::from_fn(|_| Bucket {
+                places: [nothing; ROOM],
+                len: 0,
+            }),
         }
     }
 
     // The lists, in the order of the buckets.
-    pub fn lists(&self) -> &[FixedList<ContactRef, 8>]
+    pub fn lists(&self) -> &[Bucket]
         ensures order { (b : ℕ) → list_of self.now b ≡ slice_index_or result.now b [] }
         ensures all { length result.now ≡ 130 }
     {
@@ -61,7 +93,8 @@ impl Buckets {
     {
         let local = self.list(bucket).len() as u32;
         let pos = GraphPos::new(bucket, local)?;
-        self.lists[bucket as usize].push(contact)?;
+        let list = &mut self.lists[bucket as usize];
+        list.len = push_at(&mut list.places, list.len, contact)?;
         Ok(pos)
     }
 
@@ -71,11 +104,14 @@ impl Buckets {
         ensures lists { OnOk result (IsRelisted self.old self.new (bucket_of pos) (last_into_gap (list_of self.old (bucket_of pos)) (local_of pos))) }
         ensures refused { OnErr result (self.new ≡ self.old) }
     {
-        // A test and an index, and no `get_mut`: after that a proof knows nothing of the lists.
+        // A test and an index, and no `get_mut`: after that a proof knows none of the lists.
         let bucket = pos.bucket();
         if bucket > GENERIC_BUCKET {
             return Err(Refusal::NoSuchPlace);
         }
-        self.lists[bucket as usize].remove(pos.local() as usize)
+        let list = &mut self.lists[bucket as usize];
+        let moved = remove_at(&mut list.places, list.len, pos.local() as usize)?;
+        list.len -= 1;
+        Ok(moved)
     }
 }

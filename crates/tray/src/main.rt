@@ -3,7 +3,6 @@
 #![tactic(auto)]
 
 mod buckets;
-mod fixed_list;
 mod story;
 mod tray;
 

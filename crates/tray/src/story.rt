@@ -1,4 +1,4 @@
-use crate::tray::{Contact, Tray};
+use crate::tray::{BODIES, Contact, Tray};
 use lists::solver_contact_graph::GraphPos;
 use std::{fmt, io};
 
@@ -13,7 +13,7 @@ enum Thing {
 }
 
 // What they are called: a table, since a contact has its bodies by number.
-const NAMES: [&str; 5] = ["tray", "gripper", "screw", "washer", "nut"];
+const NAMES: [&str; BODIES] = ["tray", "gripper", "screw", "washer", "nut"];
 
 // Prints the names of two bodies.
 #[derive(Clone, Copy)]
@@ -68,8 +68,9 @@ impl<R: Print> Day<'_, R> {
     }
 
     fn strike_out(&mut self, number: usize) -> io::Result<()> {
+        print!(self.rt; "out {number}")?;
         if let Some(contact) = self.tray.contacts.get(number) {
-            print!(self.rt; "out {number} {}", Names(contact.bodies))?;
+            print!(self.rt; " {}", Names(contact.bodies))?;
         }
         match self.tray.strike_out(number) {
             Ok(None) => println!(self.rt; ": it was the last of its bucket, nothing moved"),
@@ -82,9 +83,9 @@ impl<R: Print> Day<'_, R> {
     }
 
     fn show(&self, number: usize) -> io::Result<()> {
-        match self.tray.contacts.get(number) {
+        match self.tray.contacts.get(number).copied() {
             Some(contact) => println!(self.rt; "{}", Standing { number, contact }),
-            None => println!(self.rt; "{number}"),
+            None => println!(self.rt; "{number}: out"),
         }
     }
 

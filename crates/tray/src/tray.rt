@@ -1,4 +1,4 @@
-ghost use Rattle.std.specs.Prelude.{◌≡◌, ℕ, [], Some, ◌+◌, ◌<◌, ◌≤◌, ◌⊎◌, ◌↔◌, length, take, IsOk, IsErrOf, IfOk, OnOk, OnErr, IsSomeAnd};
+ghost use Rattle.std.specs.Prelude.{◌≡◌, ℕ, [], Some, ◌+◌, ◌<◌, ◌≤◌, ◌⊎◌, ◌↔◌, length, take, IsOk, IsErr, IsErrOf, IfOk, OnOk, OnErr, IsSomeAnd};
 ghost use Rattle.std.specs.List.{slice_get};
 ghost use Rattle.tray.specs.Buckets.{list_of};
 ghost use Rattle.tray.specs.Colours.{ColourFor, IsUncoloured};
@@ -7,13 +7,13 @@ ghost use Rattle.tray.specs.Moves.{StruckOut, TakenIn, contact_of, pos_of, with_
 ghost use Rattle.lists.specs.declared.refusal.Refusal.TheVariants.{NoSuchPlace};
 
 use crate::buckets::Buckets;
-use crate::fixed_list::FixedList;
+use arrayvec::ArrayVec;
 use lists::refusal::Refusal;
 use lists::solver_contact_graph::{ContactRef, GraphPos};
 use masks::mask::Mask;
 
 // How many bodies there are: the tray itself and what lies on it.
-const BODIES: usize = 5;
+pub const BODIES: usize = 5;
 
 // How many contacts it has room for.
 const CONTACTS: usize = 8;
@@ -28,9 +28,9 @@ pub enum Body {
     Moving(Mask),
 }
 
-// A contact of two bodies, by their numbers: its colour, if it found one, and where its reference
-// stands, if it has not been struck out.
-#[derive(Clone, Copy)]
+// A contact of two bodies: its colour, if it found one, and where its reference stands, if it has not
+// been struck out. Bodies go by number, as in the rule book, and not by reference.
+#[derive(Clone, Copy, Default)]
 pub struct Contact {
     pub bodies: [usize; 2],
     pub color: Option<u32>,
@@ -40,39 +40,36 @@ pub struct Contact {
 #[derive(Drop)]
 pub struct Tray {
     pub bodies: [Body; BODIES],
-    pub contacts: FixedList<Contact, CONTACTS>,
+    pub contacts: ArrayVec<Contact, CONTACTS>,
     pub buckets: Buckets,
 }
 
 impl Tray {
     // An empty tray. Body 0, the tray itself, is fixed.
     pub fn new() -> Tray
-        ensures contacts { result.contacts ≡ [] }
+        ensures contacts { result.contacts.items ≡ [] }
         ensures lists { (b : ℕ) → list_of result.buckets b ≡ [] }
         ensures fixed { slice_get result.bodies 0 ≡ Some Fixed }
         ensures moving { (b : ℕ) → 0 < b → b < 5 → IsSomeAnd (slice_get result.bodies b) IsUncoloured }
     {
         let moving = Body::Moving(Mask::new());
-        let nothing = Contact {
-            bodies: [0, 0],
-            color: None,
-            pos: None,
-        };
         Tray {
             bodies: [Body::Fixed, moving, moving, moving, moving],
-            contacts: FixedList::new(nothing),
+            contacts: ArrayVec::new(),
             buckets: Buckets::new(),
         }
     }
 
     // Takes a contact in: colours it against its bodies and puts it into its colour's bucket.
-    // Answers its number.
+    // Answers its number. The bodies come as two numbers, since the contract speaks of each.
+    #[tactic(auto, using(crate::proofs::Contacts::appended))]
     pub fn take_in(&mut self, first: usize, second: usize) -> Result<usize, Refusal>
         ensures taken { IfOk result (λ n. TakenIn self.old n self.new) }
         ensures contact { IfOk result (λ n. IsSomeAnd (contact_of self.new n) (IsContactOf self.old first second)) }
         ensures bucket { IfOk result (λ n. IsSomeAnd (contact_of self.new n) IsInItsBucket) }
-        ensures others { IfOk result (λ n. (take n self.new.contacts ≡ self.old.contacts) × (length self.new.contacts ≡ n + 1)) }
+        ensures others { IfOk result (λ n. (take n self.new.contacts.items ≡ self.old.contacts.items) × (length self.new.contacts.items ≡ n + 1)) }
         ensures unknown { IsErrOf result NoSuchPlace ↔ ((5 ≤ first) ⊎ (5 ≤ second)) }
+        ensures full { length self.old.contacts.items ≡ 8 → IsErr result }
         ensures accepted { first < 5 → second < 5 → HasRoom self.old → IsOk result }
         ensures refused { OnErr result (self.new ≡ self.old) }
     {
@@ -81,7 +78,7 @@ impl Tray {
         if self.contacts.is_full() {
             return Err(Refusal::NoRoom);
         }
-        let number = self.contacts.as_slice().len();
+        let number = self.contacts.len();
         let color = choose_color(first_body, second_body);
         let pos = self.buckets.insert(
             color.unwrap_or(OVERFLOW),
@@ -95,7 +92,7 @@ impl Tray {
             color,
             pos: Some(pos),
         };
-        self.contacts.push(contact).unwrap();
+        self.contacts.push(contact);
         recolor(&mut self.bodies, contact, |mask, color| {
             mask.with(color).unwrap_or(mask)
         });
@@ -107,30 +104,28 @@ impl Tray {
     pub fn strike_out(&mut self, number: usize) -> Result<Option<usize>, Refusal>
         ensures answer { result ≡ answer_of self.old.buckets (pos_of self.old number) }
         ensures lists { OnOk result (StruckOut self.old number self.new) }
-        ensures contacts { IfOk result (λ moved. self.new.contacts ≡ struck self.old.contacts number moved (pos_of self.old number)) }
+        ensures contacts { IfOk result (λ moved. self.new.contacts.items ≡ struck self.old.contacts.items number moved (pos_of self.old number)) }
         ensures refused { OnErr result (self.new ≡ self.old) }
     {
-        let contact = self.contacts.get(number).ok_or(Refusal::NoSuchPlace)?;
+        let contact = *self.contacts.get(number).ok_or(Refusal::NoSuchPlace)?;
         let pos = contact.pos.ok_or(Refusal::NoSuchPlace)?;
         let moved = self.buckets.remove(pos)?;
-        self.place(number, None);
+        self.set_pos(number, None);
         recolor(&mut self.bodies, contact, Mask::without);
         let moved = moved.map(|contact| contact.pair as usize);
         if let Some(moved) = moved {
-            self.place(moved, Some(pos));
+            self.set_pos(moved, Some(pos));
         }
         Ok(moved)
     }
 
     // Says where a contact stands, if it is on the tray.
-    fn place(&mut self, number: usize, pos: Option<GraphPos>)
-        ensures contacts { self.new.contacts ≡ with_pos self.old.contacts number pos }
+    fn set_pos(&mut self, number: usize, pos: Option<GraphPos>)
+        ensures contacts { self.new.contacts.items ≡ with_pos self.old.contacts.items number pos }
         ensures buckets { self.new.buckets ≡ self.old.buckets }
     {
-        if let Some(contact) = self.contacts.get(number) {
-            self.contacts
-                .set(number, Contact { pos, ..contact })
-                .unwrap();
+        if let Some(contact) = self.contacts.get_mut(number) {
+            contact.pos = pos;
         }
     }
 }
@@ -156,8 +151,8 @@ fn choose_color(first: &Body, second: &Body) -> Option<u32>
 {
     match (first, second) {
         (Body::Moving(a), Body::Moving(b)) => a.union(*b).lowest_free(),
-        (Body::Moving(mask), Body::Fixed) => mask.highest_free(),
-        (Body::Fixed, Body::Moving(mask)) => mask.highest_free(),
+        (Body::Moving(mask), Body::Fixed) | (Body::Fixed, Body::Moving(mask)) =>
+            mask.highest_free(),
         (Body::Fixed, Body::Fixed) => None,
     }
 }
