@@ -1,6 +1,6 @@
 // The work on a dense list, over places and a length: the list stands in the first `len` places.
-// It serves `DenseList`, and a list in a part of a larger table, whose length lies elsewhere. There a
-// struct that borrows the part is no stand-in: its maker's proof loses what was written through it.
+// It serves `DenseList`, and a list in a part of a larger table, whose length lies elsewhere. A struct
+// that borrows the part cannot replace it: its maker's proof does not know what was written there.
 // Writes are a test and an index, and no `get_mut`: after that a proof knows none of the elements.
 ghost use Rattle.std.specs.Prelude.{◌≡◌, ◌+◌, ◌-◌, [], ◌∷◌, ◌++◌, length, take, if◌then◌else◌, nat_lt, Some, Ok, Err, OnOk, OnErr, slice_set};
 ghost use Rattle.std.specs.List.{slice_get};

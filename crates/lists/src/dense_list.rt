@@ -3,8 +3,8 @@ ghost use Rattle.std.specs.Prelude.{◌≤◌, length};
 use crate::dense::{get_at, push_at, remove_at, set_at};
 use crate::refusal::Refusal;
 
-// A list over given places, so that nothing is on the heap. Its elements stand at the places 0 to
-// `len - 1`, with no gap.
+// A list over given places, as the rule book has it. Its elements stand at the places 0 to `len - 1`,
+// with no gap.
 #[derive(Drop)]
 pub struct DenseList<'a, T> {
     places: &'a mut [T],
@@ -12,6 +12,8 @@ pub struct DenseList<'a, T> {
     ghost inside: { len ≤ length places.now },
 }
 
+// That a call keeps the room, and that a refused one changes nothing, stands in each contract: it sets
+// the list after beside the list before, which no ghost field of one list can.
 impl<'a, T: Copy> DenseList<'a, T> {
     ghost use Rattle.std.specs.Prelude.{◌≡◌, [], ◌∷◌, ◌++◌, length, if◌then◌else◌, nat_lt, Some, Ok, Err, OnOk, OnErr, slice_set};
     ghost use Rattle.std.specs.List.{slice_get};

@@ -9,7 +9,7 @@ use crate::refusal::Refusal;
 pub const GENERIC_BUCKET: u32 = 129;
 
 // A manifold that the solver sees: its pair, and its ordinal among the pair's manifolds. Both are
-// places in tables, and not references: the tables are given once, and nothing is on the heap.
+// numbers, as the rule book has a reference be, and no borrows: the tables are given once.
 #[derive(Clone, Copy, PartialEq, Eq, Debug)]
 pub struct ContactRef {
     pub pair: u32,

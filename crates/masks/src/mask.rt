@@ -3,7 +3,7 @@ ghost use Rattle.masks.specs.Masks.{holds, With, lowest_free, LowestFree, highes
 
 // A set of numbers below 128, as the bits of two words, in which the rule book keeps it: `n` is the
 // bit `n % 64` of the word `n / 64`.
-#[derive(Clone, Copy, PartialEq, Eq, Debug)]
+#[derive(Clone, Copy)]
 pub struct Mask {
     words: [u64; 2],
 }
@@ -30,6 +30,8 @@ impl Mask {
     pub fn with(mut self, n: u32) -> Option<Mask>
         ensures { With self n result }
     {
+        // A test and an index, and no `get_mut`, here and below: after that a proof knows none of the
+        // words.
         if n >= 128 {
             return None;
         }

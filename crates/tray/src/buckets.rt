@@ -17,7 +17,8 @@ const BUCKETS: usize = 130;
 const ROOM: usize = 8;
 
 // The list of one bucket: a dense list in the first `len` of its places. The rule book has buckets use
-// the list of `lists`, so it is no `ArrayVec`; and no `DenseList`, which would borrow its places.
+// the list of `lists`, so it is no `ArrayVec`; and no `DenseList`, since the checker does not cover an
+// array of structs that hold a `&mut`.
 #[derive(Drop)]
 pub struct Bucket {
     places: [ContactRef; ROOM],

@@ -12,7 +12,7 @@ enum Thing {
     Nut,
 }
 
-// What they are called: a table, since a contact has its bodies by number.
+// What they are called, by their numbers, since a contact has its bodies by number.
 const NAMES: [&str; BODIES] = ["tray", "gripper", "screw", "washer", "nut"];
 
 // Prints the names of two bodies.
@@ -48,7 +48,7 @@ impl fmt::Display for Standing {
     }
 }
 
-// The day of one small tray.
+// A tray, and where what happens on it is printed.
 #[derive(Drop)]
 struct Day<'r, R> {
     rt: &'r R,
@@ -57,13 +57,13 @@ struct Day<'r, R> {
 
 impl<R: Print> Day<'_, R> {
     fn take_in(&mut self, first: Thing, second: Thing) -> io::Result<()> {
-        let bodies = [first as usize, second as usize];
-        match self.tray.take_in(bodies[0], bodies[1]) {
+        let (first, second) = (first as usize, second as usize);
+        match self.tray.take_in(first, second) {
             Ok(number) => {
                 print!(self.rt; "in  ")?;
                 self.show(number)
             }
-            Err(refusal) => println!(self.rt; "in  {}: {refusal}", Names(bodies)),
+            Err(refusal) => println!(self.rt; "in  {}: {refusal}", Names([first, second])),
         }
     }
 
@@ -113,6 +113,7 @@ impl<R: Print> Day<'_, R> {
     }
 }
 
+// Tells the day of one small tray, call by call.
 pub fn tell(rt: &impl Print) -> io::Result<()> {
     let mut day = Day {
         rt,

@@ -18,7 +18,7 @@ pub const BODIES: usize = 5;
 // How many contacts it has room for.
 const CONTACTS: usize = 8;
 
-// The bucket of the contacts that found no colour. Buckets go by number.
+// The bucket of the contacts that found no colour. A number, as `GENERIC_BUCKET` is.
 const OVERFLOW: u32 = 128;
 
 // A body is fixed, or it moves and has the colours of its contacts.
@@ -61,7 +61,8 @@ impl Tray {
     }
 
     // Takes a contact in: colours it against its bodies and puts it into its colour's bucket.
-    // Answers its number. The bodies come as two numbers, since the contract speaks of each.
+    // Answers its number. The bodies come as two numbers: of an array the clauses would have to say
+    // which element they mean, which is no plainer.
     #[tactic(auto, using(crate::proofs::Contacts::appended))]
     pub fn take_in(&mut self, first: usize, second: usize) -> Result<usize, Refusal>
         ensures taken { IfOk result (λ n. TakenIn self.old n self.new) }

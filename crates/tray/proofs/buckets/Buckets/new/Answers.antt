@@ -1,3 +1,4 @@
+-- What `array::from_fn` made has to be asked at each bucket; the check does not do that alone.
 use Rattle.std.proofs.Common.{[], inl, inr, rules, arith}
 use Rattle.std.proofs.lemmas.Bool.{cases_lt}
 use Rattle.std.proofs.lemmas.List.{get_or_past}
