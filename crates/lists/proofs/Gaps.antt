@@ -40,8 +40,8 @@ module _ {X : Type 0} (xs : List X) (i : ℕ) (d : X) (within : i < length xs) w
   others_or : (k : ℕ) → k < length (swap_remove xs i d) → k ≢ i → get_or (swap_remove xs i d) k d ≡ get_or xs k d
   others_or k b ne = grind (arith, common_steps, one_fewer)
 
-  gap_filled_by : GapFilled xs i (swap_remove xs i d)
-  gap_filled_by =
+  GapFilled-swap_remove : GapFilled xs i (swap_remove xs i d)
+  GapFilled-swap_remove =
       let ys = swap_remove xs i d in
       let l = one_fewer in
       record {
@@ -53,7 +53,7 @@ module _ {X : Type 0} (xs : List X) (i : ℕ) (d : X) (within : i < length xs) w
 pub gap_law : {X : Type 0} (xs : List X) (i : ℕ) → i < length xs → GapFilled xs i (last_into_gap xs i)
 gap_law xs i h =
     let d = first_of xs (omega arith) in
-    subst (GapFilled xs i) (swap_remove-last_into_gap xs i d h) (gap_filled_by xs i d h)
+    subst (GapFilled xs i) (swap_remove-last_into_gap xs i d h) (GapFilled-swap_remove xs i d h)
 
 -- what stands in the first n - 1 places when the one at n - 1 was written to i
 pub gap_filled : {X : Type 0} (ps : List X) (n i : ℕ) (d : X) → i < n → n ≤ length ps → last_into_gap (take n ps) i ≡ take (n - 1) (set ps i (get_or ps (n - 1) d))

@@ -11,8 +11,9 @@ word_of p = p.word
 abbrev pub none : ℕ
 none = 4294967295
 
-abbrev pub IsPlace : GraphPos → Type 0
-IsPlace p = word_of p ≢ none
+-- the position is not the missing one
+abbrev pub IsPresent : GraphPos → Type 0
+IsPresent p = word_of p ≢ none
 
 abbrev pub bucket_of : GraphPos → ℕ
 bucket_of p = word_of p / 4194304
@@ -36,7 +37,7 @@ pub record Sole (bucket local : ℕ) (p : GraphPos) : Type 0 where
   pub equal : (q : GraphPos) → q ≡ p → (bucket_of q ≡ bucket) × (local_of q ≡ local)
   pub alone : (q : GraphPos) → bucket_of q ≡ bucket → local_of q ≡ local → q ≡ p
   -- it is not the missing one
-  pub some : IsPlace p
+  pub some : IsPresent p
 
 abbrev pub NamesOnePlace : ℕ → ℕ → Result GraphPos Refusal → Type 0
 NamesOnePlace bucket local (Ok p) = Sole bucket local p

@@ -2,7 +2,7 @@
 // It serves `DenseList`, and a list in a part of a larger table, whose length lies elsewhere. A struct
 // that borrows the part cannot replace it: its maker's proof does not know what was written there.
 // Writes are a test and an index, and no `get_mut`: after that a proof knows none of the elements.
-ghost use Rattle.std.specs.Prelude.{◌≡◌, ◌+◌, ◌-◌, [], ◌∷◌, ◌++◌, length, take, if◌then◌else◌, nat_lt, Some, Ok, Err, OnOk, OnErr, slice_set};
+ghost use Rattle.std.specs.Prelude.{◌≡◌, ◌+◌, ◌-◌, [], ◌∷◌, ◌++◌, length, take, if◌then◌else◌, nat_lt, Ok, Err, OnOk, OnErr, slice_set};
 ghost use Rattle.std.specs.List.{slice_get};
 ghost use Rattle.lists.specs.Dense.{has_place, last_into_gap, GapFilled};
 ghost use Rattle.lists.specs.declared.refusal.Refusal.TheVariants.{NoSuchPlace, NoRoom};
@@ -20,7 +20,6 @@ pub fn get_at<T: Copy>(places: &[T], len: usize, at: usize) -> Option<T>
 pub fn push_at<T: Copy>(places: &mut [T], len: usize, x: T) -> Result<usize, Refusal>
     ensures answer { result ≡ (if nat_lt len (length places.old) then Ok (len + 1) else Err NoRoom) }
     ensures list { OnOk result (take (len + 1) places.new ≡ take len places.old ++ x ∷ []) }
-    ensures last { OnOk result (slice_get (take (len + 1) places.new) len ≡ Some x) }
     ensures refused { OnErr result (places.new ≡ places.old) }
 {
     if len >= places.len() {

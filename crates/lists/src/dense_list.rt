@@ -15,7 +15,7 @@ pub struct DenseList<'a, T> {
 // That a call keeps the room, and that a refused one changes nothing, stands in each contract: it sets
 // the list after beside the list before, which no ghost field of one list can.
 impl<'a, T: Copy> DenseList<'a, T> {
-    ghost use Rattle.std.specs.Prelude.{◌≡◌, [], ◌∷◌, ◌++◌, length, if◌then◌else◌, nat_lt, Some, Ok, Err, OnOk, OnErr, slice_set};
+    ghost use Rattle.std.specs.Prelude.{◌≡◌, [], ◌∷◌, ◌++◌, length, if◌then◌else◌, nat_lt, Ok, Err, OnOk, OnErr, slice_set};
     ghost use Rattle.std.specs.List.{slice_get};
     ghost use Rattle.lists.specs.declared.refusal.Refusal.TheVariants.{NoSuchPlace, NoRoom};
     ghost use Rattle.lists.specs.Dense.{items, room, last_into_gap, GapFilled, IsUnchanged};
@@ -51,7 +51,6 @@ impl<'a, T: Copy> DenseList<'a, T> {
     pub fn push(&mut self, x: T) -> Result<(), Refusal>
         ensures answer { result ≡ (if nat_lt (length (items self.old)) (room self.old) then Ok tt else Err NoRoom) }
         ensures list { OnOk result (items self.new ≡ items self.old ++ x ∷ []) }
-        ensures last { OnOk result (slice_get (items self.new) (length (items self.old)) ≡ Some x) }
         ensures refused { OnErr result (IsUnchanged self.old self.new) }
         ensures kept { room self.new ≡ room self.old }
     {

@@ -1,5 +1,5 @@
 ghost use Rattle.std.specs.Prelude.{◌≡◌, ◌↔◌, IsTrue};
-ghost use Rattle.lists.specs.Positions.{position, bucket_of, local_of, word_of, IsPlace, NamesOnePlace};
+ghost use Rattle.lists.specs.Positions.{position, bucket_of, local_of, word_of, IsPresent, NamesOnePlace};
 
 use crate::refusal::Refusal;
 
@@ -46,7 +46,7 @@ impl GraphPos {
     }
 
     pub fn is_some(self) -> bool
-        ensures { IsTrue result ↔ IsPlace self }
+        ensures { IsTrue result ↔ IsPresent self }
     {
         self != Self::NONE
     }

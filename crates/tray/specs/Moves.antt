@@ -40,10 +40,10 @@ TakenIn old n new = (n ≡ length old.contacts.items) × IsSomeAnd (pos_of new n
 abbrev pub with_pos : List Contact → ℕ → Option GraphPos → List Contact
 with_pos cs n p = unwrap_or (option_map (λ c. slice_set cs n (record c { pos = p })) (slice_get cs n)) cs
 
--- contact n has no position any more, and the one that moved has n's
-abbrev pub struck : List Contact → ℕ → Option ℕ → Option GraphPos → List Contact
-struck cs n None p = with_pos cs n None
-struck cs n (Some m) p = with_pos (with_pos cs n None) m p
+-- the contacts after n was struck out at p and m, if any, moved: n loses its position, then m gets it
+abbrev pub contacts_after : List Contact → ℕ → Option ℕ → Option GraphPos → List Contact
+contacts_after cs n None p = with_pos cs n None
+contacts_after cs n (Some m) p = with_pos (with_pos cs n None) m p
 
 -- what striking out at a position answers: the contact that moves into the gap, or a refusal where nothing stands there
 abbrev pub answer_of : Buckets → Option GraphPos → Result (Option ℕ) Refusal

@@ -48,14 +48,14 @@ impl fmt::Display for Standing {
     }
 }
 
-// A tray, and where what happens on it is printed.
+// A tray whose moves are printed.
 #[derive(Drop)]
-struct Day<'r, R> {
+struct PrintedTray<'r, R> {
     rt: &'r R,
     tray: Tray,
 }
 
-impl<R: Print> Day<'_, R> {
+impl<R: Print> PrintedTray<'_, R> {
     fn take_in(&mut self, first: Thing, second: Thing) -> io::Result<()> {
         let (first, second) = (first as usize, second as usize);
         match self.tray.take_in(first, second) {
@@ -113,24 +113,24 @@ impl<R: Print> Day<'_, R> {
     }
 }
 
-// Tells the day of one small tray, call by call.
+// Plays the story of one small tray, call by call.
 pub fn tell(rt: &impl Print) -> io::Result<()> {
-    let mut day = Day {
+    let mut tray = PrintedTray {
         rt,
         tray: Tray::new(),
     };
-    day.take_in(Thing::Screw, Thing::Tray)?;
-    day.take_in(Thing::Washer, Thing::Tray)?;
-    day.take_in(Thing::Gripper, Thing::Tray)?;
-    day.take_in(Thing::Gripper, Thing::Screw)?;
-    day.take_in(Thing::Gripper, Thing::Nut)?;
-    day.take_in(Thing::Screw, Thing::Nut)?;
-    day.take_in(Thing::Tray, Thing::Washer)?;
-    day.strike_out(0)?;
-    day.strike_out(3)?;
-    day.strike_out(0)?;
-    day.take_in(Thing::Nut, Thing::Washer)?;
-    day.show_lists()?;
+    tray.take_in(Thing::Screw, Thing::Tray)?;
+    tray.take_in(Thing::Washer, Thing::Tray)?;
+    tray.take_in(Thing::Gripper, Thing::Tray)?;
+    tray.take_in(Thing::Gripper, Thing::Screw)?;
+    tray.take_in(Thing::Gripper, Thing::Nut)?;
+    tray.take_in(Thing::Screw, Thing::Nut)?;
+    tray.take_in(Thing::Tray, Thing::Washer)?;
+    tray.strike_out(0)?;
+    tray.strike_out(3)?;
+    tray.strike_out(0)?;
+    tray.take_in(Thing::Nut, Thing::Washer)?;
+    tray.show_lists()?;
     long_tray(rt)
 }
 
