@@ -149,9 +149,7 @@ fn recolor_one(bodies: &mut [Body], body: usize, color: u32, used: bool)
     ensures colours { (b k : ℕ) → uses_at bodies.new b k ≡ (if (b == body && k == color) && moves_at bodies.old b then used else uses_at bodies.old b k) }
     ensures moving { (b : ℕ) → moves_at bodies.new b ≡ moves_at bodies.old b }
 {
-    if body < bodies.len()
-        && let Body::Moving(mask) = bodies[body]
-    {
+    if let Some(Body::Moving(mask)) = bodies.get(body).copied() {
         let changed = if used {
             mask.with(color).unwrap_or(mask)
         } else {
