@@ -1,7 +1,8 @@
 // The work on a dense list, over places and a length: the list stands in the first `len` places.
-// It serves `DenseList`, and a list in a part of a larger table, whose length lies elsewhere. A struct
-// that borrows the part cannot replace it: its maker's proof does not know what was written there.
-// Writes are a test and an index, and no `get_mut`: after that a proof knows none of the elements.
+// It serves `DenseList` and the tray's buckets, and can serve a list in a part of a larger table, whose
+// length lies elsewhere: a struct that borrows the part cannot, since its maker's proof does not know
+// what was written there. Writes are a test and an index, and no `get_mut`: after that a proof knows
+// none of the elements.
 ghost use Rattle.std.specs.Prelude.{◌≡◌, ◌+◌, ◌-◌, [], ◌∷◌, ◌++◌, length, take, if◌then◌else◌, nat_lt, Ok, Err, OnOk, OnErr, slice_set};
 ghost use Rattle.std.specs.List.{slice_get};
 ghost use Rattle.lists.specs.Dense.{has_place, last_into_gap, GapFilled};
@@ -9,11 +10,12 @@ ghost use Rattle.lists.specs.declared.refusal.Refusal.TheVariants.{NoSuchPlace, 
 
 use crate::refusal::Refusal;
 
-// The element at `at`, or none past the end.
+// The element at `at`, or none past the end. By the slice's `get`, and not by an iterator's `nth`, which
+// is a loop and takes twice the time.
 pub fn get_at<T: Copy>(places: &[T], len: usize, at: usize) -> Option<T>
     ensures { result ≡ slice_get (take len places.now) at }
 {
-    places.iter().take(len).nth(at).copied()
+    places[..len.min(places.len())].get(at).copied()
 }
 
 // Puts `x` at the end, and answers the new length.

@@ -31,12 +31,12 @@ module _ (taken : ℕ → Bool) where
             simp t (least_found n (a + 1) (Some c) (omega (arith, f.0), omega (arith, f.1), f.2, λ k h l. f.3 k (omega arith) l))
       ]
 
-  lowest_found : (n : ℕ) (r : Option ℕ) → LowestFree taken n r → r ≡ lowest_free taken n
+  pub lowest_found : (n : ℕ) (r : Option ℕ) → LowestFree taken n r → r ≡ lowest_free taken n
   unfolding lowest_free
   lowest_found n None f = least_found n 0 None (λ k h l. f k (omega arith))
   lowest_found n (Some c) f = least_found n 0 (Some c) (omega arith, omega (arith, f.0), f.1, λ k h l. f.2 k l)
 
-  highest_found : (n : ℕ) (r : Option ℕ) → HighestFree taken n r → r ≡ highest_free taken n
+  pub highest_found : (n : ℕ) (r : Option ℕ) → HighestFree taken n r → r ≡ highest_free taken n
   unfolding highest_free
   highest_found zero None f = refl
   highest_found zero (Some c) f = absurd (omega (arith, f.0))

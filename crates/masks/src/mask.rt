@@ -1,4 +1,4 @@
-ghost use Rattle.std.specs.Prelude.{◌≡◌, ℕ, ◌↔◌, false, not, ◌&&◌, ◌||◌, ◌==◌, IsTrue};
+ghost use Rattle.std.specs.Prelude.{◌≡◌, ℕ, ◌↔◌, nat_lt, false, not, ◌&&◌, ◌||◌, ◌==◌, IsTrue};
 ghost use Rattle.masks.specs.Masks.{holds, With, lowest_free, LowestFree, highest_free, HighestFree};
 
 // A set of numbers below 128, as the bits of two words, in which the rule book keeps it: `n` is the
@@ -20,34 +20,43 @@ impl Mask {
     pub fn has(self, n: u32) -> bool
         ensures { result ≡ holds self n }
     {
-        self.words
-            .get(n as usize / 64)
-            .is_some_and(|word| (word >> (n % 64)) & 1 == 1)
+        let [low, high] = self.words;
+        let word = if n < 64 { low } else { high };
+        n < 128 && (word >> (n % 64)) & 1 == 1
     }
 
     // The set with `n` in it, or none where `n` is not below 128.
-    #[tactic(auto, using(crate::proofs::Words::holds_with))]
-    pub fn with(mut self, n: u32) -> Option<Mask>
+    pub fn with(self, n: u32) -> Option<Mask>
         ensures { With self n result }
     {
-        // A test and an index, and no `get_mut`, here and below: after that a proof knows none of the
-        // words.
         if n >= 128 {
             return None;
         }
-        self.words[n as usize / 64] |= 1 << (n % 64);
-        Some(self)
+        Some(self.union(Mask::only(n)))
     }
 
     // The set without `n`.
-    #[tactic(auto, using(crate::proofs::Words::holds_without))]
-    pub fn without(mut self, n: u32) -> Mask
+    #[tactic(auto, using(crate::proofs::Words::holds_minus, crate::proofs::Words::holds_past))]
+    pub fn without(self, n: u32) -> Mask
         ensures { (k : ℕ) → holds result k ≡ (holds self k && not (k == n)) }
     {
-        if n < 128 {
-            self.words[n as usize / 64] &= !(1 << (n % 64));
+        let [low, high] = self.words;
+        let [only_low, only_high] = Mask::only(n).words;
+        Mask {
+            words: [low & !only_low, high & !only_high],
         }
-        self
+    }
+
+    // The set of `n` alone, and the empty one where `n` is not below 128. It serves `with` and `without`
+    // in place of an index to the one word that changes: the compiled code would read both words back
+    // right after it wrote one, and wait for it.
+    #[tactic(auto, using(crate::proofs::Words::only_low, crate::proofs::Words::only_high, crate::proofs::Words::holds_nothing))]
+    fn only(n: u32) -> Mask
+        ensures { (k : ℕ) → holds result k ≡ (nat_lt n 128 && k == n) }
+    {
+        let bit = if n < 128 { 1 << (n % 64) } else { 0 };
+        let words = if n < 64 { [bit, 0] } else { [0, bit] };
+        Mask { words }
     }
 
     #[tactic(auto, using(crate::proofs::Words::holds_union))]

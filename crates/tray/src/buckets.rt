@@ -1,4 +1,4 @@
-ghost use Rattle.std.specs.Prelude.{◌≡◌, ◌≤◌, ℕ, [], ◌∷◌, ◌++◌, length, if◌then◌else◌, nat_lt, slice_index_or, Ok, Err, OnOk, OnErr};
+ghost use Rattle.std.specs.Prelude.{◌≡◌, ◌<◌, ◌≤◌, ℕ, [], ◌∷◌, ◌++◌, length, if◌then◌else◌, nat_lt, slice_index_or, Ok, Err, OnOk, OnErr};
 ghost use Rattle.std.specs.List.{slice_get};
 ghost use Rattle.lists.specs.Dense.{last_into_gap};
 ghost use Rattle.lists.specs.Positions.{position, bucket_of, local_of};
@@ -78,6 +78,7 @@ impl Buckets {
     // The bucket's list. Past the last bucket there is none.
     pub fn list(&self, bucket: u32) -> &[ContactRef]
         ensures list { result.now ≡ list_of self.now bucket }
+        ensures past { 129 < bucket → result.now ≡ [] }
         ensures room { length result.now ≤ 8 }
     {
         match self.lists.get(bucket as usize) {

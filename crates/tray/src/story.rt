@@ -26,24 +26,15 @@ impl fmt::Display for Names {
     }
 }
 
-// Prints a contact with its number, and where it stands.
+// Prints where a contact stands.
 #[derive(Clone, Copy)]
-struct Standing {
-    number: usize,
-    contact: Contact,
-}
+struct Standing(GraphPos);
 
 impl fmt::Display for Standing {
     fn fmt<W: fmt::Write>(&self, f: &mut fmt::Formatter<W>) -> fmt::Result {
-        let number = self.number;
-        let names = Names(self.contact.bodies);
-        write!(f, "{number} {names}: ")?;
-        let Some(pos) = self.contact.pos else {
-            return write!(f, "out");
-        };
-        let bucket = pos.bucket();
-        let local = pos.local();
-        let word = u32::from(pos);
+        let bucket = self.0.bucket();
+        let local = self.0.local();
+        let word = u32::from(self.0);
         write!(f, "bucket {bucket} place {local} (position {word})")
     }
 }
@@ -68,9 +59,10 @@ impl<R: Print> PrintedTray<'_, R> {
     }
 
     fn strike_out(&mut self, number: usize) -> io::Result<()> {
-        print!(self.rt; "out {number}")?;
-        if let Some(contact) = self.tray.contacts.get(number) {
-            print!(self.rt; " {}", Names(contact.bodies))?;
+        print!(self.rt; "out ")?;
+        match self.tray.contacts.get(number) {
+            Some(contact) => self.show_name(number, *contact)?,
+            None => print!(self.rt; "{number}")?,
         }
         match self.tray.strike_out(number) {
             Ok(None) => println!(self.rt; ": it was the last of its bucket, nothing moved"),
@@ -84,9 +76,22 @@ impl<R: Print> PrintedTray<'_, R> {
 
     fn show(&self, number: usize) -> io::Result<()> {
         match self.tray.contacts.get(number).copied() {
-            Some(contact) => println!(self.rt; "{}", Standing { number, contact }),
+            Some(contact) => self.show_contact(number, contact),
             None => println!(self.rt; "{number}: out"),
         }
+    }
+
+    // A contact's number and its two bodies, then where it stands.
+    fn show_contact(&self, number: usize, contact: Contact) -> io::Result<()> {
+        self.show_name(number, contact)?;
+        match contact.pos {
+            Some(pos) => println!(self.rt; ": {}", Standing(pos)),
+            None => println!(self.rt; ": out"),
+        }
+    }
+
+    fn show_name(&self, number: usize, contact: Contact) -> io::Result<()> {
+        print!(self.rt; "{number} {}", Names(contact.bodies))
     }
 
     // The lists as they stand, and where each contact says that it stands.
@@ -101,13 +106,7 @@ impl<R: Print> PrintedTray<'_, R> {
             }
         }
         for (number, contact) in self.tray.contacts.as_slice().iter().enumerate() {
-            println!(self.rt;
-                "{}",
-                Standing {
-                    number,
-                    contact: *contact
-                }
-            )?;
+            self.show_contact(number, *contact)?;
         }
         Ok(())
     }
